@@ -1,7 +1,8 @@
 -- How far apart the words of two nets' lowest outputs are, as a sum of literals. With p places the lowest
 -- literal of a word counts 2^(32-p), so that what is counted modulo 2^32 is the word modulo 2^p. Source:
 -- residue arithmetic.
-use Rattle.std.specs.Prelude.{◌≡◌, ℕ, ◌+◌, ◌-◌, ◌*◌, ◌^◌, ◌<◌, ◌≤◌, Bool, true, false, List, map, length, take, All}
+use Rattle.std.specs.Prelude.{◌≡◌, ℕ, ◌+◌, ◌-◌, ◌*◌, ◌^◌, ◌<◌, ◌≤◌, Bool, true, false, List, map, length}
+use Rattle.std.specs.Prelude.{take, All}
 use Rattle.std.specs.Prelude.{slice_index_or}
 use Rattle.semantics.specs.Net.{NetValue, input_count}
 use Rattle.semantics.specs.Value.{Assignment, outputs_of}

@@ -1,8 +1,8 @@
 //! The question whether the error exceeds a level, by the gap that is kept along the chain.
 //!
 //! It is about the literals of the gap alone. Where the solver finds none that is beyond the level, and the
-//! change makes no error that is too large, the error does not exceed it, and the gap goes on to the net behind
-//! the change.
+//! change makes no error that is too large, the error does not exceed it, and the gap goes on to the net
+//! behind the change.
 ghost use Rattle.std.specs.Prelude.{◌≡◌, ◌-◌, ◌^◌, ◌<◌, ◌≤◌, length, All, IfOk, IfSome, IsTrue};
 ghost use Rattle.semantics.specs.Error.{IsWithin};
 ghost use Rattle.semantics.specs.Net.{NetValue, HasSamePorts, input_count};
@@ -11,7 +11,8 @@ ghost use Rattle.aig_core.specs.Grown.{Grows};
 ghost use Rattle.bdd_levels.specs.Levels.{IsLevelDecided};
 ghost use Rattle.graph_questions.specs.Levels.{IsChangeFor, question_of};
 ghost use Rattle.graph_questions.specs.LowPlaces.{AreEnough, IsDistance};
-ghost use Rattle.graph_questions.specs.Gaps.{GapValue, IsBeyond, IsBetween, IsGapGoal, IsGapOf, IsNextOf, IsStep};
+ghost use Rattle.graph_questions.specs.Gaps.{GapValue, IsBeyond, IsBetween, IsGapGoal};
+ghost use Rattle.graph_questions.specs.Gaps.{IsGapOf, IsNextOf, IsStep};
 
 use crate::difference::difference;
 use crate::gap::Gap;
@@ -44,7 +45,8 @@ const MORE_PLACES: u32 = 1;
 /// The most places of a gap.
 const MOST_PLACES: u32 = 31;
 
-/// How many low places a gap looks at for a level, where there are enough outputs and the error is a distance.
+/// How many low places a gap looks at for a level, where there are enough outputs and the error is a
+/// distance.
 pub(crate) fn gap_places(level: &Level, outputs: u32) -> Option<u32>
     requires { outputs ≤ 64 }
     ensures { IfSome result (λ p. (2 ≤ p) × (p < outputs) × (p ≤ 31) × (level.now.k < 2 ^ (p - 2))
@@ -62,7 +64,8 @@ pub(crate) fn gap_places(level: &Level, outputs: u32) -> Option<u32>
     Some((least + MORE_PLACES).min(outputs - 1).min(MOST_PLACES))
 }
 
-/// The literal that is true where a sum is beyond a level, or none where the sum is no word of so many places.
+/// The literal that is true where a sum is beyond a level, or none where the sum is no word of so many
+/// places.
 fn beyond_literal(
     alloc: Global,
     g: &mut Aig,
@@ -126,8 +129,8 @@ struct Next {
 }
 
 impl Gap {
-    /// Takes a net of which these are the lowest outputs as the member, and says whether these are shown to be
-    /// what the last member's are.
+    /// Takes a net of which these are the lowest outputs as the member, and says whether these are shown to
+    /// be what the last member's are.
     fn catch_up<P: Progress>(
         &mut self,
         alloc: Global,

@@ -1,8 +1,8 @@
 //! What one word of literals counts more than another, as a sum of few literals where that is found.
 //!
-//! Of a move it is guessed which literals make the difference. What is left of the difference without the guess
-//! is rewritten by the adders of both words; where that does not leave nothing, the solver is asked whether it
-//! is nothing.
+//! Of a move it is guessed which literals make the difference. What is left of the difference without the
+//! guess is rewritten by the adders of both words; where that does not leave nothing, the solver is asked
+//! whether it is nothing.
 ghost use Rattle.std.specs.Prelude.{◌≡◌, ◌≤◌, IfOk, IsTrue, All, length};
 ghost use Rattle.aig_core.specs.Graph.{IsLiteralOf};
 ghost use Rattle.aig_core.specs.Grown.{Grows};
@@ -69,8 +69,8 @@ fn some_of(g: &mut Aig, word: &[Literal]) -> Result<Literal, AllocError>
     Ok(some)
 }
 
-/// Whether a sum counts nothing at every input vector, as far as adders and a few conflicts show. What is left
-/// of it is of no use then.
+/// Whether a sum counts nothing at every input vector, as far as adders and a few conflicts show. What is
+/// left of it is of no use then.
 fn is_nothing<P: Progress>(
     alloc: Global,
     g: &mut Aig,
@@ -105,8 +105,8 @@ pub(crate) struct Step {
     pub is_guess: bool,
 }
 
-/// A guess of what one word counts more than another, where it is shown to be right, or the difference of both
-/// words as it is.
+/// A guess of what one word counts more than another, where it is shown to be right, or the difference of
+/// both words as it is.
 pub(crate) fn step_of<P: Progress>(
     alloc: Global,
     g: &mut Aig,

@@ -101,8 +101,9 @@ fn gap_for(alloc: Global, exact: &Net, kept: Option<Gap>, places: u32) -> Result
     }
 }
 
-/// Whether the error of an approximate net exceeds the level, as [`decide`] says, by the gap that is kept along
-/// a chain, where the error is the distance of two numbers and few low places of the outputs are enough.
+/// Whether the error of an approximate net exceeds the level, as [`decide`] says, by the gap that is kept
+/// along a chain, where the error is the distance of two numbers and few low places of the outputs are
+/// enough.
 pub fn decide_along<P: Progress>(
     alloc: Global,
     nets: &Compared,

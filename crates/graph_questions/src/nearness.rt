@@ -1,9 +1,9 @@
 //! Whether a few low places of the outputs are enough for a question along the chain.
 //!
-//! The net before the change keeps the level. Where the change makes an error of its own that is not too large,
-//! the error of the net after it is less than 2 to the number of places, less the level, so it is seen from the
-//! low places. Whether the change makes a larger error is a question to the solver too. It is mostly an easy
-//! one, since the two nets differ in one signal.
+//! The net before the change keeps the level. Where the change makes an error of its own that is not too
+//! large, the error of the net after it is less than 2 to the number of places, less the level, so it is
+//! seen from the low places. Whether the change makes a larger error is a question to the solver too. It is
+//! mostly an easy one, since the two nets differ in one signal.
 ghost use Rattle.std.specs.Prelude.{◌≡◌, ◌-◌, ◌^◌, ◌<◌, ◌≤◌, length, IfOk, IfSome, IsTrue};
 ghost use Rattle.semantics.specs.Error.{IsCandidate, IsWithin};
 ghost use Rattle.semantics.specs.Net.{HasSamePorts};
@@ -85,8 +85,8 @@ fn is_near<P: Progress>(
     }
 }
 
-/// Whether a change makes an error of its own that is small enough for so many low places of the outputs to be
-/// enough, as far as a few conflicts show.
+/// Whether a change makes an error of its own that is small enough for so many low places of the outputs to
+/// be enough, as far as a few conflicts show.
 pub(crate) fn is_small_change<P: Progress>(
     alloc: Global,
     nets: &Compared,

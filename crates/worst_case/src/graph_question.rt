@@ -24,8 +24,8 @@ use progress::progress::Progress;
 use proof_semantics::constraint::Constraint;
 use std::alloc::{AllocError, Global};
 
-/// The answer over the graph, where the solver finds one within the limit: first, along a chain, by the gap that
-/// is kept.
+/// The answer over the graph, where the solver finds one within the limit: first, along a chain, by the gap
+/// that is kept.
 pub(crate) fn by_graph<P: Progress>(
     alloc: Global,
     nets: &Compared,

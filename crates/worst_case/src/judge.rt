@@ -16,15 +16,15 @@ use crate::options::{LANE_INPUTS, MOST_INPUTS_WITHOUT, MOST_TRIED_INPUTS, TABLES
 use crate::vectors_tried::hold_vectors;
 use bdd_levels::budgets::QUESTION_STEPS;
 use bdd_levels::decider::Decider;
-use graph_questions::gap::Gap;
-use net_search::judging::Change;
 use every_vector::vectors::{
     Attained, greatest_of, hold_each_vector, hold_every_vector, try_vectors,
 };
+use graph_questions::gap::Gap;
 use lane_nets::reference::Reference;
 use level_answers::margin::Margin;
 use net_core::net::Net;
 use net_errors::compared::Compared;
+use net_search::judging::Change;
 use progress::progress::Progress;
 use proof_semantics::constraint::Constraint;
 use semantics::metric::Metric;

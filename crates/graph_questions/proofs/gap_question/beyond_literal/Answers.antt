@@ -13,7 +13,8 @@ returns-clause-beyond c =
     let both = c.in_ok-both.both.items in
     let told = subst (λ o. IfSome o (λ w. IsWordOf c.word_of.new.g c.args.sum.now (32 - p) w.items)) c.in-Some.is c.in_ok-word.ensures.ok in
     let pair : both ≡ word ++ replicate p 0 =
-    c.in_ok-both.ensures ∙ (λ i. c.deref.ensures.value i ++ c.deref-2.ensures.value i) ∙ ap (λ (l : List ℕ). word ++ l) (c.in_ok-zeros.ensures.items_if_clones_equal (λ y h. h) ∙ ap (replicate p) c.constant.ensures) in
+    c.in_ok-both.ensures ∙ (λ i. c.deref.ensures.value i ++ c.deref-2.ensures.value i)
+    ∙ ap (λ (l : List ℕ). word ++ l) (c.in_ok-zeros.ensures.items_if_clones_equal (λ y h. h) ∙ ap (replicate p) c.constant.ensures) in
     let first = subst (λ (l : List ℕ). IsApartLiteral c.apart_literal.new.g l p k c.in_ok-beyond.beyond) c.deref-3.ensures.value c.in_ok-beyond.ensures.apart in
     let most = ap (λ n. n - 1 - k) c.power_of_two.ensures in
     let second = subst (λ (l : List ℕ). IsApartLiteral c.apart_literal-2.new.g l p (2 ^ p - 1 - k) c.in_ok-around.around) c.deref-4.ensures.value
