@@ -211,7 +211,8 @@ impl Gap {
     ) -> Result<Step, AllocError>
         requires some { 1 ≤ self.old.places }
         requires few { self.old.places ≤ 31 }
-        requires step { IsStep self.old.graph self.old.places self.old.exact_low self.old.member_low self.old.sum }
+        requires step { IsStep
+            self.old.graph self.old.places self.old.exact_low self.old.member_low self.old.sum }
         ensures grows { Grows self.old.graph self.new.graph }
         ensures same { self.new ≡ record self.old { graph = self.new.graph } }
         ensures step { IfOk result
