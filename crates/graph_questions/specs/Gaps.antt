@@ -36,8 +36,8 @@ pub record IsStep (g : GraphValue) (p : ℕ) (from to : List ℕ) (terms : List 
   pub is : (x : List Bool) (v : Assignment) → IsConsistent g x v
       → Agree (sum_value v terms + word_value v (lowest_weight p) to) (word_value v (lowest_weight p) from)
 
--- l says whether a sum, which is a multiple of 2^(32-p) modulo 2^32, is more than k such multiples and less
--- than 2^p less k
+-- l is true wherever a sum, which is a multiple of 2^(32-p) modulo 2^32, is more than k such multiples and
+-- less than 2^p less k
 pub record IsBeyond (g : GraphValue) (p k : ℕ) (terms : List Term) (l : ℕ) : Type 0 where
   pub within : IsLiteralOf g l
   pub beyond : (x : List Bool) (v : Assignment) (z : ℕ) → IsConsistent g x v → z < 2 ^ p
@@ -53,6 +53,8 @@ pub record GapValue : Type 0 where
   pub member_low : List ℕ
   pub sum : List Term
 
+-- The graph is over the inputs of the net N, whose lowest outputs the exact literals are, and the sum counts
+-- what their word counts more than that of the last member's literals.
 pub record IsGapOf (N : NetValue) (gap : GapValue) : Type 0 where
   pub graph_inputs : gap.graph.inputs ≡ input_count N
   pub count : length gap.inputs ≡ input_count N

@@ -9,6 +9,7 @@ use Rattle.net_errors.specs.Compared.{NetPair}
 use Rattle.net_search.specs.declared.judging.Change.{Change}
 use Rattle.net_search.specs.Judging.{IsChange}
 use Rattle.bdd_levels.specs.declared.level.Level.{Level}
+use Rattle.proof_semantics.specs.declared.constraint.Constraint.{Constraint}
 use Rattle.aig_core.specs.Graph.{GraphValue, IsLiteralOf, IsConsistent, literal_value, truth_of}
 use Rattle.aig_core.specs.Grown.{HasValue}
 
@@ -20,6 +21,10 @@ pub record LevelQuestion : Type 0 where
 
 abbrev pub question_of : NetPair → Level → LevelQuestion
 question_of nets level = record { metric = level.metric; nets = nets; k = level.k }
+
+-- the question whether the error exceeds the bound of what is asked
+abbrev pub asked_of : NetPair → Constraint → LevelQuestion
+asked_of nets aim = record { metric = aim.metric; nets = nets; k = aim.bound }
 
 -- the error of the approximate net at an input vector
 abbrev pub asked_error : LevelQuestion → List Bool → ℕ

@@ -16,7 +16,7 @@ ghost use Rattle.graph_questions.specs.Gaps.{IsGapOf, IsNextOf, IsStep};
 
 use crate::difference::difference;
 use crate::gap::Gap;
-use crate::gap_steps::{Step, WEIGHT_PLACES, low_literals, step_of};
+use crate::gap_steps::{Step, WEIGHT_PLACES, low_literals, step_of, weight_of};
 use crate::goal::joined;
 use crate::levels::tried;
 use crate::low_places::{apart_literal, power_of_two};
@@ -28,7 +28,7 @@ use aig_core::nets::signal_literals;
 use bdd_levels::level::Level;
 use bdd_nets::ever_true::Decision;
 use cdcl_core::answer::Answer;
-use literal_sums::effect::effect_of;
+use literal_sums::effect::{Changed, Words, effect_of};
 use literal_sums::sum::Sum;
 use literal_sums::term::Term;
 use literal_sums::word::word_of;
@@ -183,18 +183,18 @@ impl Gap {
         let before = signal_literals(alloc, &mut self.graph, change.before, &self.inputs)?;
         let behind = signal_literals(alloc, &mut self.graph, after, &self.inputs)?;
         self.samples.extend(&self.graph)?;
-        let weight = crate::gap_steps::weight_of(self.places);
-        let found = effect_of(
-            alloc,
-            &self.samples,
+        let changed = Changed {
             after,
-            change.signal,
-            &before,
-            &behind,
-            &self.member_low,
-            low,
-            weight,
-        )?;
+            signal: change.signal,
+            before: &before,
+            behind: &behind,
+        };
+        let words = Words {
+            before: &self.member_low,
+            behind: low,
+            weight: weight_of(self.places),
+        };
+        let found = effect_of(alloc, &self.samples, &changed, &words)?;
         match found {
             Some(terms) => Ok(terms),
             None => Ok(Vec::new(alloc)),

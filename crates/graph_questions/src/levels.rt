@@ -5,7 +5,7 @@
 ghost use Rattle.std.specs.Prelude.{◌≡◌, ◌<◌, ◌≤◌, length, IfOk, IfSome};
 ghost use Rattle.semantics.specs.Net.{input_count};
 ghost use Rattle.bdd_levels.specs.Levels.{IsLevelDecided, IsLevelOf};
-ghost use Rattle.graph_questions.specs.Levels.{IsChangeFor, question_of};
+ghost use Rattle.graph_questions.specs.Levels.{IsChangeFor, asked_of, question_of};
 ghost use Rattle.graph_questions.specs.Gaps.{IsGapOf};
 
 use crate::gap::Gap;
@@ -24,6 +24,7 @@ use net_errors::net_error::error_at;
 use net_errors::ports::same_ports;
 use net_search::judging::Change;
 use progress::progress::Progress;
+use proof_semantics::constraint::Constraint;
 use std::alloc::{AllocError, Global};
 
 /// The input vector of a model, where the error exceeds the level there.
@@ -109,18 +110,18 @@ pub fn decide_along<P: Progress>(
     nets: &Compared,
     change: &Change,
     kept: &mut Option<Gap>,
-    level: &Level,
-    limit: u64,
+    aim: Constraint,
     progress: &mut P,
 ) -> Result<Decision, AllocError>
-    requires limit { 1 ≤ limit }
+    requires limit { 1 ≤ aim.limit }
     requires kept { IfSome kept.old (IsGapOf nets.now.exact) }
-    requires change { IsChangeFor (question_of nets.now level.now) change.now }
+    requires change { IsChangeFor (asked_of nets.now aim) change.now }
     ensures kept { IfSome kept.new (IsGapOf nets.now.exact) }
     ensures answer { IfOk result
-        (IsLevelDecided level.now.metric nets.now.exact nets.now.approx level.now.k) }
+        (IsLevelDecided aim.metric nets.now.exact nets.now.approx aim.bound) }
 {
-    let Some(places) = gap_places(level, nets.exact().outputs()) else {
+    let level = Level::new(alloc, nets.exact(), aim.metric, aim.bound)?;
+    let Some(places) = gap_places(&level, nets.exact().outputs()) else {
         return Ok(Decision::Unknown);
     };
     if !same_ports(change.before, nets.approx()) {
@@ -130,7 +131,7 @@ pub fn decide_along<P: Progress>(
         return Ok(Decision::Unknown);
     }
     let mut gap = gap_for(alloc, nets.exact(), kept.take(), places)?;
-    let decision = gap.decide(alloc, nets, change, level, limit, progress)?;
+    let decision = gap.decide(alloc, nets, change, &level, aim.limit, progress)?;
     *kept = Some(gap);
     Ok(decision)
 }

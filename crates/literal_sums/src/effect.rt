@@ -185,16 +185,15 @@ fn literal_of(literals: &[Literal], signal: Signal) -> Literal {
 fn columns_of(
     alloc: Global,
     samples: &Samples,
-    before: &[Literal],
-    behind: &[Literal],
+    changed: &Changed,
     front: &[Signal],
 ) -> Result<Vec<Column>, AllocError> {
     let mut columns = Vec::new(alloc);
     for signal in front {
         let column = Column::new(
             samples,
-            literal_of(before, *signal),
-            literal_of(behind, *signal),
+            literal_of(changed.before, *signal),
+            literal_of(changed.behind, *signal),
         );
         if !column.is_nothing() {
             columns.push(column)?;
@@ -203,17 +202,15 @@ fn columns_of(
     Ok(columns)
 }
 
-/// What the words of both nets count apart at each vector, the lowest literal by this weight.
+/// What two words count apart at each vector.
 fn difference_of(
     alloc: Global,
     samples: &Samples,
-    before: &[Literal],
-    behind: &[Literal],
-    weight: u32,
+    words: &Words,
 ) -> Result<Difference, AllocError> {
     let mut difference = Difference::new(alloc)?;
-    let mut weight = weight;
-    for (first, second) in before.iter().zip(behind) {
+    let mut weight = words.weight;
+    for (first, second) in words.before.iter().zip(words.behind) {
         let column = Column::new(samples, *first, *second);
         if !column.is_nothing() {
             difference.add(&column, weight);
@@ -299,33 +296,45 @@ impl Best {
     }
 }
 
-/// The terms that make the difference of the words of two nets at all vectors, if such are found: literals of
-/// signals before and behind a change of the table of `signal`. The lowest literals of both words count by
-/// `weight`, and each behind them by twice as much.
+/// A net behind a change of the table of a signal, and the literals of the signals before and behind it.
+#[derive(Clone, Copy)]
+pub struct Changed<'a> {
+    pub after: &'a Net,
+    pub signal: Signal,
+    pub before: &'a [Literal],
+    pub behind: &'a [Literal],
+}
+
+/// Two words of literals. The lowest literals of both count by `weight`, and each behind them by twice as
+/// much.
+#[derive(Clone, Copy)]
+pub struct Words<'a> {
+    pub before: &'a [Literal],
+    pub behind: &'a [Literal],
+    pub weight: u32,
+}
+
+/// The terms that make the difference of two words at all vectors, if such are found: literals of signals
+/// before and behind the change.
 pub fn effect_of(
     alloc: Global,
     samples: &Samples,
-    after: &Net,
-    signal: Signal,
-    before: &[Literal],
-    behind: &[Literal],
-    low_before: &[Literal],
-    low_behind: &[Literal],
-    weight: u32,
+    changed: &Changed,
+    words: &Words,
 ) -> Result<Option<Vec<Term>>, AllocError> {
-    let readers = Readers::of(alloc, after)?;
-    let difference = difference_of(alloc, samples, low_before, low_behind, weight)?;
-    let mut front = vec![in alloc; signal; 1]?;
+    let readers = Readers::of(alloc, changed.after)?;
+    let difference = difference_of(alloc, samples, words)?;
+    let mut front = vec![in alloc; changed.signal; 1]?;
     let mut best = Best::new();
     for round in 0..MOST_ROUNDS {
-        let columns = columns_of(alloc, samples, before, behind, &front)?;
+        let columns = columns_of(alloc, samples, changed, &front)?;
         if let Some(terms) = sum_of(alloc, &columns, &difference)? {
             best.offer(terms, round);
         }
         if best.is_old(round) {
             break;
         }
-        front = next_front(alloc, after, &readers, &front)?;
+        front = next_front(alloc, changed.after, &readers, &front)?;
         if front.len() > MOST_SIGNALS {
             break;
         }

@@ -2,7 +2,7 @@
 //! the changed table.
 ghost use Rattle.std.specs.Prelude.{◌≡◌, length};
 
-use crate::effect::effect_of;
+use crate::effect::{Changed, Words, effect_of};
 use crate::samples::Samples;
 use crate::term::Term;
 use crate::weights::{Column, Difference, solve};
@@ -73,17 +73,18 @@ fn two_tables(alloc: Global) -> Result<Net, AllocError> {
 fn effect(alloc: Global) -> Result<Option<Vec<Term>>, AllocError> {
     let net = two_tables(alloc)?;
     let samples = three_inputs(alloc)?;
-    effect_of(
-        alloc,
-        &samples,
-        &net,
-        2,
-        &[2, 4, 2, 8],
-        &[2, 4, 0, 0],
-        &[8],
-        &[0],
-        1 << 30,
-    )
+    let changed = Changed {
+        after: &net,
+        signal: 2,
+        before: &[2, 4, 2, 8],
+        behind: &[2, 4, 0, 0],
+    };
+    let words = Words {
+        before: &[8],
+        behind: &[0],
+        weight: 1 << 30,
+    };
+    effect_of(alloc, &samples, &changed, &words)
 }
 
 #[test]

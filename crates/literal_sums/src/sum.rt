@@ -191,7 +191,8 @@ impl Sum {
         self.add_word(word, negative(weight))
     }
 
-    /// Counts the inputs of an adder too, and its sum and its carry no more, each by this weight.
+    /// Counts the three inputs of an adder by this weight, and takes away its sum by this weight and its
+    /// carry by twice as much.
     fn swap_adder(&mut self, adder: &Adder, weight: u32) -> Result<(), AllocError>
         ensures { IfOk result (λ _. HasSwapped adder.now weight self.old self.new) }
     {
@@ -202,10 +203,12 @@ impl Sum {
         self.take(adder.carry, doubled(weight))
     }
 
-    /// Counts the inputs of an adder too, and its sum and its carry no more, each by this weight, where it is
-    /// an adder; and says whether it is.
+    /// Where these five literals are seen to be an adder, counts its three inputs by this weight, and takes
+    /// away its sum by this weight and its carry by twice as much. Says whether they are; if not, the sum
+    /// stays.
     pub fn go_through(&mut self, g: &Aig, adder: &Adder, weight: u32) -> Result<bool, AllocError>
-        ensures { IfOk result (λ _. AgreeAsSums g.now self.new self.old) }
+        ensures same { IfOk result (λ _. AgreeAsSums g.now self.new self.old) }
+        ensures stays { IfOk result (λ done. ¬ IsTrue done → self.new ≡ self.old) }
     {
         if !is_adder(g, adder) {
             return Ok(false);

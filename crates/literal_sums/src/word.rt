@@ -42,7 +42,7 @@ fn exclusive(g: &mut Aig, a: Literal, b: Literal) -> Result<Literal, AllocError>
 }
 
 /// An adder of three literals, made of new gates.
-pub fn adder_of(
+fn adder_of(
     g: &mut Aig,
     first: Literal,
     second: Literal,

@@ -64,3 +64,16 @@ IsRange-closed aim N M most x r range best =
       refuted = tt;
       first = λ few_inputs. best;
     }
+
+-- where a vector with a larger error is known
+pub IsRange-climbed : (aim : Constraint) (N M : NetValue) (r : Range) (most : ℕ) (x : List Bool) → IsRange aim N M r → length x ≡ input_count N
+    → net_error aim.metric N M x ≡ most → r.low < most → IsRange aim N M (record r { low = most; witness = x })
+IsRange-climbed aim N M r most x range width is more = record {
+  width = width;
+  attained = is;
+  within = range.within;
+  bounded = range.bounded;
+  small = range.small;
+  refuted = range.refuted;
+  first = λ few_inputs. absurd (omega (arith, is, more, (range.first few_inputs).greatest x width));
+}

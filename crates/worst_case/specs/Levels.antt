@@ -1,9 +1,7 @@
 -- Answers to the question whether the error stays within a level, as they come from one of its ways.
 use Rattle.std.specs.Prelude.{ℕ, ◌<◌, Option, MatchOption}
 use Rattle.semantics.specs.Net.{NetValue, input_count}
-use Rattle.net_errors.specs.Compared.{NetPair}
 use Rattle.proof_semantics.specs.declared.constraint.Constraint.{Constraint}
-use Rattle.graph_questions.specs.Levels.{LevelQuestion}
 use Rattle.level_answers.specs.Levels.{IsSureAnswer}
 use Rattle.level_answers.specs.declared.query.Exceed.{Exceed}
 use Rattle.level_answers.specs.declared.query.Exceed.TheVariants as exceed
@@ -20,7 +18,3 @@ without_log (exceed.Spent s) = Spent s
 abbrev pub IsAnsweredUpTo : ℕ → Constraint → NetValue → NetValue → Option Margin → Type 0
 IsAnsweredUpTo most aim exact approx found
     = MatchOption found (most < input_count exact) (IsSureAnswer aim exact approx)
-
--- the question whether the error of the approximate net exceeds the bound
-abbrev pub asked_level : Constraint → NetPair → LevelQuestion
-asked_level aim nets = record { metric = aim.metric; nets = nets; k = aim.bound }

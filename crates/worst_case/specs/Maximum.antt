@@ -11,6 +11,12 @@ use Rattle.level_answers.specs.Exceeds.{spent_value}
 use Rattle.level_answers.specs.declared.query.Spent as spent
 use Rattle.worst_case.specs.declared.range.Range.{Range}
 use Rattle.every_vector.specs.declared.vectors.Attained.{Attained}
+use Rattle.net_errors.specs.Compared.{NetPair}
+
+-- the error of the approximate net at the witness
+pub record IsAttained (metric : Metric) (nets : NetPair) (a : Attained) : Type 0 where
+  pub width : length a.witness ≡ input_count nets.exact
+  pub is : net_error metric nets.exact nets.approx a.witness ≡ a.error
 
 -- the greatest error of all input vectors, and the first of them that has it; it may not be found where there
 -- are more than `most` inputs

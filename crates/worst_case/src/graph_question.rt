@@ -10,8 +10,7 @@
 ghost use Rattle.std.specs.Prelude.{◌≡◌, ◌≤◌, IfOk, IfSome};
 ghost use Rattle.level_answers.specs.Levels.{IsSureAnswer};
 ghost use Rattle.graph_questions.specs.Gaps.{IsGapOf};
-ghost use Rattle.graph_questions.specs.Levels.{IsChangeFor};
-ghost use Rattle.worst_case.specs.Levels.{asked_level};
+ghost use Rattle.graph_questions.specs.Levels.{IsChangeFor, asked_of};
 
 use crate::margin::decided_margin;
 use bdd_levels::level::Level;
@@ -36,18 +35,18 @@ pub(crate) fn by_graph<P: Progress>(
 ) -> Result<Option<Margin>, AllocError>
     requires limit { 1 ≤ aim.limit }
     requires kept { IfSome kept.old (IsGapOf nets.now.exact) }
-    requires change { IfSome change (λ c. IsChangeFor (asked_level aim nets.now) c.now) }
+    requires change { IfSome change (λ c. IsChangeFor (asked_of nets.now aim) c.now) }
     ensures kept { IfSome kept.new (IsGapOf nets.now.exact) }
     ensures answer { IfOk result
         (λ found. IfSome found (IsSureAnswer aim nets.now.exact nets.now.approx)) }
 {
-    let level = Level::new(alloc, nets.exact(), aim.metric, aim.bound)?;
     if let Some(change) = change {
-        let decision = decide_along(alloc, nets, change, kept, &level, aim.limit, progress)?;
+        let decision = decide_along(alloc, nets, change, kept, aim, progress)?;
         if let Some(margin) = decided_margin(alloc, nets, aim, decision)? {
             return Ok(Some(margin));
         }
     }
+    let level = Level::new(alloc, nets.exact(), aim.metric, aim.bound)?;
     let decision = decide(alloc, nets, change, &level, aim.limit, progress)?;
     decided_margin(alloc, nets, aim, decision)
 }

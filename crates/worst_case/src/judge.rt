@@ -4,15 +4,18 @@
 ghost use Rattle.std.specs.Prelude.{◌≡◌, ◌≤◌, ◌<◌, IfOk, IfSome};
 ghost use Rattle.semantics.specs.Net.{input_count, IsSmall};
 ghost use Rattle.level_answers.specs.Levels.{IsLevelAnswer, IsSureAnswer};
-ghost use Rattle.graph_questions.specs.Levels.{IsChangeFor};
-ghost use Rattle.worst_case.specs.Levels.{IsAnsweredUpTo, asked_level};
+ghost use Rattle.graph_questions.specs.Levels.{IsChangeFor, asked_of};
+ghost use Rattle.worst_case.specs.Levels.{IsAnsweredUpTo};
 ghost use Rattle.worst_case.specs.Maximum.{IsGreatestUpTo};
 ghost use Rattle.worst_case.specs.VectorsTried.{IsHeldFor};
 ghost use Rattle.every_vector.specs.Vectors.{IsEachVectorHeldUpTo};
 
+use crate::climbing::climb;
 use crate::graph_question::by_graph;
 use crate::margin::{by_diagrams, by_solver};
-use crate::options::{LANE_INPUTS, MOST_INPUTS_WITHOUT, MOST_TRIED_INPUTS, TABLES_A_STEP};
+use crate::options::{
+    LANE_INPUTS, MOST_INPUTS_WITHOUT, MOST_STARTS, MOST_TRIED_INPUTS, TABLES_A_STEP,
+};
 use crate::vectors_tried::hold_vectors;
 use bdd_levels::budgets::QUESTION_STEPS;
 use bdd_levels::decider::Decider;
@@ -22,6 +25,7 @@ use every_vector::vectors::{
 use graph_questions::gap::Gap;
 use lane_nets::reference::Reference;
 use level_answers::margin::Margin;
+use net_core::items::Bits;
 use net_core::net::Net;
 use net_errors::compared::Compared;
 use net_search::judging::Change;
@@ -44,6 +48,8 @@ pub struct Judge<'a> {
     every: Option<Reference<'a>>,
     /// The gap that is kept along a chain, once it was needed.
     gap: Option<Gap>,
+    /// The vectors that were found last whose error exceeds a level.
+    last: Vec<Bits>,
 }
 
 impl<'a> Model for Judge<'a> {
@@ -95,6 +101,7 @@ impl<'a> Judge<'a> {
             decider: decider_for(alloc, exact)?,
             every: None,
             gap: None,
+            last: Vec::new(alloc),
         })
     }
 
@@ -180,6 +187,41 @@ impl<'a> Judge<'a> {
         }
     }
 
+    /// A vector whose error exceeds the bound, near to one that was found before.
+    pub(crate) fn by_climbing(
+        &self,
+        alloc: Global,
+        nets: &Compared,
+        aim: Constraint,
+    ) -> Result<Option<Margin>, AllocError>
+        ensures { IfOk result
+            (λ found. IfSome found (IsSureAnswer aim nets.now.exact nets.now.approx)) }
+    {
+        for start in &self.last {
+            if start.len() != nets.exact().inputs() as usize {
+                continue;
+            }
+            let best = climb(alloc, nets, aim, start.as_slice())?;
+            if best.error > aim.bound {
+                return Ok(Some(Margin::Over(best.witness)));
+            }
+        }
+        Ok(None)
+    }
+
+    /// Keeps the vector of an answer, in the place of the one that was kept first.
+    pub(crate) fn keep(&mut self, alloc: Global, margin: &Margin) -> Result<(), AllocError>
+        ensures { self.new ≡ self.old }
+    {
+        if let Margin::Over(x) = margin {
+            if self.last.len() >= MOST_STARTS {
+                self.last.swap_remove(0);
+            }
+            self.last.push(Bits::from_slice(alloc, x.as_slice())?)?;
+        }
+        Ok(())
+    }
+
     /// The answer over a graph, as [`by_graph`] gives it.
     pub(crate) fn by_graph<P: Progress>(
         &mut self,
@@ -191,7 +233,7 @@ impl<'a> Judge<'a> {
     ) -> Result<Option<Margin>, AllocError>
         requires judge { self.old ≡ nets.now.exact }
         requires limit { 1 ≤ aim.limit }
-        requires change { IfSome change (λ c. IsChangeFor (asked_level aim nets.now) c.now) }
+        requires change { IfSome change (λ c. IsChangeFor (asked_of nets.now aim) c.now) }
         ensures same { self.new ≡ self.old }
         ensures answer { IfOk result
             (λ found. IfSome found (IsSureAnswer aim nets.now.exact nets.now.approx)) }

@@ -3,6 +3,7 @@
 #![tactic(auto)]
 
 pub mod beginning;
+mod climbing;
 pub mod exceeds;
 mod graph_question;
 pub mod judge;

@@ -11,7 +11,7 @@ ghost use Rattle.level_answers.specs.Maximum.{IsMaximumAnswer};
 ghost use Rattle.worst_case.specs.Maximum.{IsRange, IsEnd};
 
 use crate::judge::Judge;
-use crate::range::{Range, first_range, narrow, try_known};
+use crate::range::{Range, climb_range, first_range, narrow, try_known};
 use crate::refutation::refute_level;
 use level_answers::query::{Exceed, Maximum, Spent};
 use net_errors::compared::Compared;
@@ -91,6 +91,7 @@ fn closed_range<P: Progress>(
     let mut judge = Judge::new(alloc, nets.exact())?;
     let mut range = first_range(alloc, nets, &judge, aim)?;
     try_known(alloc, nets, &mut judge, aim, &mut range)?;
+    climb_range(alloc, nets, aim, &mut range)?;
     let spent = close(alloc, nets, &mut judge, aim, &mut range, progress)?;
     Ok((range, spent))
 }

@@ -46,3 +46,11 @@ pub const MOST_QUERIES: u64 = 16;
 /// multiplier within a relative error would have five times the bytes: `bench/SOLVER.md`, 'Clauses over
 /// signals alone'.
 pub const EARLY_CONFLICTS: u64 = 20_000;
+
+/// How many of the vectors that were found last are kept, around which one with a larger error is looked for.
+/// `bench/WIDE.md` has a filter of 56 inputs that takes three fifths of the time with them.
+pub const MOST_STARTS: usize = 4;
+
+/// The most steps from a vector to a nearby one with a larger error. Few are made: each has to raise the
+/// error, and mostly none does after some.
+pub const MOST_CLIMBED: u32 = 64;

@@ -12,13 +12,13 @@
 //! spent too, the diagrams get as many steps as their nodes allow (`LAST_QUESTION_STEPS`), and then the
 //! solver gets further queries, before the question counts as open. What a budget leaves open is never taken
 //! for an answer.
-ghost use Rattle.std.specs.Prelude.{◌≡◌, ◌≤◌, IfOk, IfSome};
+ghost use Rattle.std.specs.Prelude.{◌≡◌, ◌<◌, ◌≤◌, IfOk, IfSome};
 ghost use Rattle.semantics.specs.Net.{input_count};
 ghost use Rattle.semantics.specs.Error.{IsWithin};
 ghost use Rattle.level_answers.specs.Levels.{IsLevelAnswer, IsSureAnswer};
 ghost use Rattle.net_search.specs.Judging.{IsChange};
-ghost use Rattle.graph_questions.specs.Levels.{IsChangeFor};
-ghost use Rattle.worst_case.specs.Levels.{IsAnsweredUpTo, asked_level};
+ghost use Rattle.graph_questions.specs.Levels.{IsChangeFor, asked_of};
+ghost use Rattle.worst_case.specs.Levels.{IsAnsweredUpTo};
 
 use crate::judge::Judge;
 use crate::options::MOST_TRIED_INPUTS;
@@ -49,6 +49,31 @@ fn without_solver(
     judge.by_every_vector(alloc, nets, aim)
 }
 
+/// The answer by climbing and by the solver, in their order.
+fn with_solver<P: Progress>(
+    alloc: Global,
+    nets: &Compared,
+    change: Option<&Change>,
+    judge: &mut Judge,
+    aim: Constraint,
+    progress: &mut P,
+) -> Result<Margin, AllocError>
+    requires many_inputs { MOST_TRIED_INPUTS < input_count nets.now.exact }
+    requires judge { judge.old ≡ nets.now.exact }
+    requires limit { 1 ≤ aim.limit }
+    requires change { IfSome change (λ c. IsChangeFor (asked_of nets.now aim) c.now) }
+    ensures same { judge.new ≡ judge.old }
+    ensures answer { IfOk result (IsLevelAnswer aim nets.now.exact nets.now.approx) }
+{
+    if let Some(margin) = judge.by_climbing(alloc, nets, aim)? {
+        return Ok(margin);
+    }
+    match judge.by_graph(alloc, nets, change, aim, progress)? {
+        Some(margin) => Ok(margin),
+        None => judge.by_solver(alloc, nets, aim, progress),
+    }
+}
+
 /// The answer by all means, in their order.
 fn by_all<P: Progress>(
     alloc: Global,
@@ -60,7 +85,7 @@ fn by_all<P: Progress>(
 ) -> Result<Margin, AllocError>
     requires judge { judge.old ≡ nets.now.exact }
     requires limit { 1 ≤ aim.limit }
-    requires change { IfSome change (λ c. IsChangeFor (asked_level aim nets.now) c.now) }
+    requires change { IfSome change (λ c. IsChangeFor (asked_of nets.now aim) c.now) }
     ensures same { judge.new ≡ judge.old }
     ensures answer { IfOk result (IsLevelAnswer aim nets.now.exact nets.now.approx) }
     ensures sure { IfOk result (λ margin. input_count nets.now.exact ≤ MOST_TRIED_INPUTS
@@ -69,10 +94,9 @@ fn by_all<P: Progress>(
     if let Some(margin) = without_solver(alloc, nets, judge, aim)? {
         return Ok(margin);
     }
-    match judge.by_graph(alloc, nets, change, aim, progress)? {
-        Some(margin) => Ok(margin),
-        None => judge.by_solver(alloc, nets, aim, progress),
-    }
+    let margin = with_solver(alloc, nets, change, judge, aim, progress)?;
+    judge.keep(alloc, &margin)?;
+    Ok(margin)
 }
 
 /// An input whose error exceeds the bound, or that there is none. With at most 24 inputs nothing is spent.

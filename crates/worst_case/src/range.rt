@@ -4,6 +4,7 @@ ghost use Rattle.semantics.specs.Net.{input_count};
 ghost use Rattle.semantics.specs.Error.{IsWithin, net_error};
 ghost use Rattle.worst_case.specs.Maximum.{IsNarrowed, IsRange, IsRangeOrSpent};
 
+use crate::climbing::climb;
 use crate::exceeds::exceeds;
 use crate::judge::Judge;
 use crate::options::LANE_INPUTS;
@@ -155,6 +156,34 @@ pub fn try_known(
             Ok(())
         }
     }
+}
+
+/// Raises the lower level to the error of a vector that is found by climbing from the witness, where the
+/// levels do not meet yet.
+pub fn climb_range(
+    alloc: Global,
+    nets: &Compared,
+    aim: Constraint,
+    range: &mut Range,
+) -> Result<(), AllocError>
+    ensures { OnOk result (IsRange aim nets.now.exact nets.now.approx range.old
+        → IsRange aim nets.now.exact nets.now.approx range.new) }
+{
+    if range.low >= range.high || range.witness.len() != nets.exact().inputs() as usize {
+        return Ok(());
+    }
+    let bound = range.high;
+    let best = climb(
+        alloc,
+        nets,
+        Constraint { bound, ..aim },
+        range.witness.as_slice(),
+    )?;
+    if best.error > range.low {
+        range.low = best.error;
+        range.witness = best.witness;
+    }
+    Ok(())
 }
 
 /// Asks the solver whether some error exceeds the next level of the range.

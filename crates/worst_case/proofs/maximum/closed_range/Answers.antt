@@ -15,5 +15,5 @@ pub close-requires : goal.close-requires
 close-requires g c = record {
   judge = c.try_known.ensures.same ∙ c.in_ok-judge.ensures ∙ c.exact.ensures.value;
   limit = c.requires.limit;
-  range = c.in_ok-try_known.ensures.range c.in_ok-range.ensures;
+  range = c.in_ok-climb_range.ensures (c.in_ok-try_known.ensures.range c.in_ok-range.ensures);
 }
